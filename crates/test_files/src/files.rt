@@ -39,7 +39,22 @@ impl Image {
         files.log.inner().bytes() == self.log.as_slice()
             && files.db.inner().bytes() == self.db.as_slice()
     }
+
+    /// Turns one bit of the byte at this place of the database, and answers whether there is one.
+    pub fn flip(&mut self, place: usize) -> bool {
+        let bit = BITS.get(place % 8).copied().unwrap_or(1);
+        match self.db.get_mut(place) {
+            Some(byte) => {
+                *byte ^= bit;
+                true
+            }
+            None => false,
+        }
+    }
 }
+
+/// Each bit of a byte.
+const BITS: [u8; 8] = [1, 2, 4, 8, 16, 32, 64, 128];
 
 /// The bytes of files with nothing in them.
 pub fn nothing(alloc: Global) -> Image {

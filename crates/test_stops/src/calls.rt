@@ -84,10 +84,68 @@ ada owners a -> Json {"users":[{"id":1,"login":"ada","name":"Ada"}]}
 ada search  -> Json {"crates":[{"description":null,"max_version":"0.1.0","name":"a"}],
     "meta":{"total":1}}"#;
 
-pub(crate) const DENIALS: &str = "ada index 1/b -> A8
+/// Each breaks a rule on the token, the crate or the version.
+pub(crate) const DENIALS: &str = "abd config -> A2
+ada index 1/b -> A8
 bob release b 0.1.0 -> A6
 bob release a 0.2.0 -> A9
-bob yank a 0.1.0 -> A9";
+bob yank a 0.1.0 -> A9
+ada yank a 0.2.0 -> A10
+ada download a 0.2.0 -> A10
+ada release nul 0.1.0 -> N2
+ada release A 0.2.0 -> N3";
+
+/// Each breaks a rule on what it carries.
+pub(crate) const BAD_REQUESTS: &str = r#"ada publish-bytes 1b0000 -> B1
+ada publish-bytes 00000000000000001b -> B2
+ada release b 0.1.0 abcd -> B3
+ada publish { -> B4
+ada publish [] -> B5
+ada release 1a 0.1.0 -> N1
+ada release b 1.0 -> V1
+ada publish {"name":"b","vers":"0.1.0","deps":[{"name":"c","version_req":"1",
+    "kind":"test"}]} -> M1
+ada add-owners a {"users":[]} -> O1
+ada add-owners a {"users":["carol"]} -> O2
+ada remove-owners a {"users":["ada"]} -> O4
+ada search per_page=0 -> Q1"#;
+
+/// Each has words that are refused.
+pub(crate) const BAD_WORDS: &str = "token-add ada yank a,9* third -> G4
+token-add ada - - third -> G9
+token-add ada yank,read - third -> G9";
+
+/// A registry in which there is room for nothing more, with a revoked token, one of a disabled
+/// account, and one for other names.
+pub(crate) const FULL: &str = r#"user-add carol -> done
+user-add dan -> done
+token-add carol publish-new,yank - carol -> 3
+token-add ada publish-new,publish-update,yank,change-owners b* narrow -> 4
+token-add dan yank - dan -> 5
+token-revoke 3 -> done
+user-disable dan -> done
+ada release a 0.2.0 -> Json {"warnings":{"invalid_badges":[],"invalid_categories":[],"other":[]}}
+ada release b 0.1.0 -> Json {"warnings":{"invalid_badges":[],"invalid_categories":[],"other":[]}}
+"#;
+
+/// Each is refused for what the token is, or for want of room.
+pub(crate) const OVERFULL: &str = "carol config -> A3
+dan config -> A4
+narrow yank a 0.1.0 -> A7
+narrow release a 0.3.0 -> A7
+ada release a 0.3.0 -> L1
+ada release c 0.1.0 -> L2
+user-add eve -> G7
+token-add ada yank - sixth -> G7
+token-add ada yank a,b,c sixth -> G7";
+
+/// Each alters the registry of *two accounts and a*, and is then refused to be opened.
+pub(crate) const ALTERED: &str = "UPDATE archives SET bytes = x'61'; open -> Damaged(C4)
+UPDATE about SET base = 'r/'; open -> Damaged(C1)
+UPDATE about SET schema = 3; open -> UnknownSchema";
+
+/// The same of a store of schema 1.
+pub(crate) const ALTERED_OLD: &str = "UPDATE archives SET bytes = x'61'; open -> Damaged(C4)";
 
 /// Each is refused for what is there already.
 pub(crate) const TAKEN: &str = "ada release a 0.1.0 -> V2
@@ -96,7 +154,15 @@ token-add ada yank a ada -> G5";
 
 /// Each names what is not there.
 pub(crate) const UNKNOWN: &str = r#"ada remove-owners a {"users":["ada","carol"]} -> O3
+user-disable carol -> G3
+user-enable carol -> G3
+token-add carol yank - third -> G3
 token-revoke 3 -> G6
 owner-add b bob -> G8
+owner-add a carol -> G3
 crate-restrict b -> G8
-reader-add a carol -> G3"#;
+crate-open b -> G8
+reader-add b bob -> G8
+reader-add a carol -> G3
+reader-remove b bob -> G8
+reader-remove a carol -> G3"#;

@@ -10,9 +10,11 @@ use test_files::{
 use test_scripts::{Played, play};
 use test_tables::make_old;
 
+/// What opens a registry: there is room for what the tasks add, and no more.
+pub(crate) const OPEN: &str = "open accounts=4 tokens=5 patterns=2 crates=2 versions=2 archive=3";
+
 /// What shows all that a task may change.
-const LOOKS: &str = "open
-export
+const LOOKS: &str = "export
 users
 tokens
 crates
@@ -24,18 +26,22 @@ bob index 1/a
 ada download b 0.1.0
 ada search";
 
-/// Files that hold a registry, and what is seen of it.
+/// Files that hold a registry, what is asked of it last, and what is seen of it.
 #[derive(Drop)]
 pub(crate) struct Prepared {
     pub(crate) image: Image,
+    pub(crate) task: String,
     pub(crate) seen: String,
 }
 
-/// It is looked at: what is seen of the registry in it. Where there are no tables it is told of one
-/// that is made then.
-struct Look;
+/// It is looked at by these lines: what is seen of the registry in it. Where there are no tables it
+/// is told of one that is made then.
+#[derive(Clone, Copy)]
+struct Look<'a> {
+    lines: &'a str,
+}
 
-impl Job for Look {
+impl Job for Look<'_> {
     type Came = Result<String, AllocError>;
 
     fn over<S: Alter + Drop>(
@@ -44,7 +50,7 @@ impl Job for Look {
         conn: Connection<S>,
     ) -> (Connection<S>, Result<String, AllocError>) {
         let is_empty = conn.schema().tables.is_empty();
-        let (conn, seen) = play(alloc, conn, LOOKS, None);
+        let (conn, seen) = play(alloc, conn, self.lines, None);
         if !is_empty {
             return (conn, lines_of(seen));
         }
@@ -66,8 +72,10 @@ fn both_lines(
     format!(in alloc; "{}{}", first?.lines, then?.lines)
 }
 
-fn seen_in(alloc: Global, files: Files<Stopping>) -> Result<String, Fault> {
-    let (_files, seen) = work_in(alloc, files, MANY_PAGES, &Look);
+/// What is seen of a registry, of which this task is asked last.
+fn seen_in(alloc: Global, files: Files<Stopping>, task: &str) -> Result<String, Fault> {
+    let lines = format!(in alloc; "{OPEN}\n{LOOKS}\n{task}")?;
+    let (_files, seen) = work_in(alloc, files, MANY_PAGES, &Look { lines: &lines });
     match seen {
         Some(seen) => Ok(seen?),
         None => Err(Fault::NotOpened),
@@ -80,6 +88,7 @@ fn seen_after(
     alloc: Global,
     mut files: Files<Stopping>,
     known: &[&Prepared],
+    task: &str,
 ) -> Result<String, Fault> {
     revive(&mut files);
     for prepared in known {
@@ -87,22 +96,33 @@ fn seen_after(
             return Ok(String::from_str(alloc, prepared.seen.as_str())?);
         }
     }
-    seen_in(alloc, files)
+    seen_in(alloc, files, task)
 }
 
 /// Files, as they are found after a crash.
-fn prepared_of(alloc: Global, mut files: Files<Stopping>) -> Result<Prepared, Fault> {
+fn prepared_of(alloc: Global, mut files: Files<Stopping>, task: &str) -> Result<Prepared, Fault> {
     revive(&mut files);
     let image = image_of(alloc, &files)?;
-    let seen = seen_in(alloc, files)?;
-    Ok(Prepared { image, seen })
+    let task = String::from_str(alloc, task)?;
+    let seen = seen_in(alloc, files, &task)?;
+    Ok(Prepared { image, task, seen })
+}
+
+/// The same files, of whose registry this task is asked last.
+pub(crate) fn asked_last(
+    alloc: Global,
+    prepared: &Prepared,
+    task: &str,
+) -> Result<Prepared, Fault> {
+    prepared_of(alloc, files_of(alloc, &prepared.image, &NO_LIMITS)?, task)
 }
 
 /// Lines are played over it, each of which is answered as it says; without lines it becomes one of
-/// schema 1.
+/// schema 1. Then a statement alters it, if there is one.
 #[derive(Clone, Copy)]
 struct Fill<'a> {
     lines: Option<&'a str>,
+    statement: &'a str,
 }
 
 impl Job for Fill<'_> {
@@ -115,14 +135,33 @@ impl Job for Fill<'_> {
     ) -> (Connection<S>, Result<(), Fault>) {
         match self.lines {
             Some(lines) => {
-                let (conn, played) = play(alloc, conn, lines, None);
-                (conn, check_lines(played, lines))
+                let (mut conn, played) = play(alloc, conn, lines, None);
+                let filled = check_lines(played, lines);
+                let altered = altered(&mut conn, filled, self.statement);
+                (conn, altered)
             }
             None => {
                 let made = make_old(&mut conn).map_err(|_error| Fault::Memory);
-                (conn, made)
+                let altered = altered(&mut conn, made, self.statement);
+                (conn, altered)
             }
         }
+    }
+}
+
+/// Runs a statement over what was filled, if there is one.
+fn altered<S: Alter>(
+    conn: &mut Connection<S>,
+    filled: Result<(), Fault>,
+    statement: &str,
+) -> Result<(), Fault> {
+    filled?;
+    if statement.is_empty() {
+        return Ok(());
+    }
+    match conn.execute(statement, &[]) {
+        Ok(_) => Ok(()),
+        Err(_) => Err(Fault::Words),
     }
 }
 
@@ -137,26 +176,28 @@ fn check_lines(played: Result<Played, AllocError>, lines: &str) -> Result<(), Fa
 
 /// Files with nothing in them.
 pub(crate) fn prepare_nothing(alloc: Global) -> Result<Prepared, Fault> {
-    prepared_of(alloc, files_of(alloc, &nothing(alloc), &NO_LIMITS)?)
+    prepared_of(alloc, files_of(alloc, &nothing(alloc), &NO_LIMITS)?, "")
 }
 
-fn prepare_filled(alloc: Global, lines: Option<&str>) -> Result<Prepared, Fault> {
+/// Files in which lines were played, or that hold a store of schema 1, once a statement altered
+/// them, if there is one.
+pub(crate) fn prepare_altered(
+    alloc: Global,
+    lines: Option<&str>,
+    statement: &str,
+) -> Result<Prepared, Fault> {
     let files = files_of(alloc, &nothing(alloc), &NO_LIMITS)?;
-    let Some((files, filled)) = work_and_close(alloc, files, &Fill { lines }) else {
+    let fill = Fill { lines, statement };
+    let Some((files, filled)) = work_and_close(alloc, files, &fill) else {
         return Err(Fault::NotClosed);
     };
     filled?;
-    prepared_of(alloc, files)
+    prepared_of(alloc, files, "")
 }
 
 /// Files in which lines were played.
 pub(crate) fn prepare(alloc: Global, lines: &str) -> Result<Prepared, Fault> {
-    prepare_filled(alloc, Some(lines))
-}
-
-/// Files that hold a store of schema 1.
-pub(crate) fn prepare_old(alloc: Global) -> Result<Prepared, Fault> {
-    prepare_filled(alloc, None)
+    prepare_altered(alloc, Some(lines), "")
 }
 
 /// Lines are played over it, that with a mark with this amount of memory, if there is one.
@@ -190,7 +231,7 @@ fn played_in(
 }
 
 /// What comes of lines: their answers, whether a file stopped, and what is seen when the files are
-/// opened again.
+/// opened again, the prepared task's answer last.
 #[derive(Drop)]
 pub(crate) struct Outcome {
     pub(crate) played: Played,
@@ -209,7 +250,7 @@ pub(crate) fn outcome_of(
     let files = files_of(alloc, &prepared.image, limits)?;
     let (mut files, played) = played_in(alloc, files, lines, limits.call);
     let stopped = have_stopped(&mut files);
-    let seen = seen_after(alloc, files, known)?;
+    let seen = seen_after(alloc, files, known, &prepared.task)?;
     Ok(Outcome {
         played: played?,
         stopped,
@@ -225,5 +266,5 @@ pub(crate) fn done_over(
 ) -> Result<(Played, Prepared), Fault> {
     let files = files_of(alloc, &prepared.image, &NO_LIMITS)?;
     let (files, played) = played_in(alloc, files, lines, None);
-    Ok((played?, prepared_of(alloc, files)?))
+    Ok((played?, prepared_of(alloc, files, &prepared.task)?))
 }

@@ -22,6 +22,8 @@ mod fault;
 #[cfg(test)]
 mod files;
 #[cfg(test)]
+mod flipped;
+#[cfg(test)]
 mod lines;
 #[cfg(test)]
 mod refused;

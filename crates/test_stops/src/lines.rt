@@ -1,8 +1,10 @@
 //! Lines that are tried in turn, each a task and its answer.
 
 use crate::fault::Fault;
-use crate::files::{Prepared, done_over, outcome_of, prepare, prepare_nothing, prepare_old};
-use crate::trials::{Amounts, Later, Trial, each_amount};
+use crate::files::{
+    OPEN, Prepared, asked_last, done_over, outcome_of, prepare, prepare_altered, prepare_nothing,
+};
+use crate::trials::{Amounts, Later, Trial, each_amount, near_enough};
 use std::alloc::{AllocError, Global};
 use test_files::{Scarce, Seen};
 use test_scripts::TWO_ACCOUNTS_AND_A;
@@ -18,7 +20,7 @@ fn lines_of(alloc: Global, task: &str) -> Result<String, AllocError> {
     if opens(task) {
         return format!(in alloc; "! {task}");
     }
-    format!(in alloc; "open\n! {task}")
+    format!(in alloc; "{OPEN}\n! {task}")
 }
 
 /// Whether a task opens the registry itself.
@@ -117,20 +119,25 @@ fn try_stops(
     both_stops(alloc, &trial, firsts)
 }
 
-/// What is asked after a task, and the task once more, unless it opens the registry itself.
+/// What is asked once more: a task, unless it opens the registry itself.
+fn again(task: &str) -> &str {
+    if opens(task) { "" } else { task }
+}
+
+/// What is asked after a task, and the task once more.
 fn lines_behind(alloc: Global, task: &str) -> Result<String, AllocError> {
-    let again = if opens(task) { "" } else { task };
-    format!(in alloc; "{REPORTS}\n{again}")
+    format!(in alloc; "{REPORTS}\n{}", again(task))
 }
 
 /// What these lines are answered where nothing was done before them.
 fn undone_lines(alloc: Global, before: &Prepared, behind: &str) -> Result<String, Fault> {
-    let lines = format!(in alloc; "open\n{behind}")?;
+    let lines = format!(in alloc; "{OPEN}\n{behind}")?;
     let (played, _after) = done_over(alloc, before, &lines)?;
     Ok(played.lines)
 }
 
-/// Does a task with no memory, one step, two steps, ..: what broke a promise, if something did.
+/// Does a task with no memory, one step, two steps, .., and one that changes the registry then with
+/// amounts nearer to the least that is enough: what broke a promise, if something did.
 fn amounts(alloc: Global, trial: &Trial<'_>, step: u32) -> Result<Option<String>, Fault> {
     let amounts = Amounts {
         scarce: Scarce::Call,
@@ -138,7 +145,11 @@ fn amounts(alloc: Global, trial: &Trial<'_>, step: u32) -> Result<Option<String>
         step,
     };
     let seen = each_amount(alloc, trial, amounts)?;
-    otherwise(alloc, seen, Seen::NOTHING)
+    if trial.before.seen == trial.after.seen {
+        return otherwise(alloc, seen, Seen::NOTHING);
+    }
+    let near = near_enough(alloc, trial, step, seen)?;
+    otherwise(alloc, seen, near)
 }
 
 /// Tries a task with amounts of memory by this step.
@@ -172,9 +183,10 @@ fn try_line(alloc: Global, before: &Prepared, line: &str, how: How) -> Result<()
     let Some((task, answer)) = line.split_once(" -> ") else {
         return Err(Fault::Words);
     };
+    let before = asked_last(alloc, before, again(task))?;
     let broken = match how {
-        How::Stops(log, db) => try_stops(alloc, before, task, answer, (log, db))?,
-        How::Amounts(step) => try_amounts(alloc, before, task, answer, step)?,
+        How::Stops(log, db) => try_stops(alloc, &before, task, answer, (log, db))?,
+        How::Amounts(step) => try_amounts(alloc, &before, task, answer, step)?,
     };
     match broken {
         None => Ok(()),
@@ -200,22 +212,26 @@ fn each_line(
     Ok(())
 }
 
-/// Tries making a registry over files with nothing in them.
-pub(crate) fn over_nothing(alloc: Global, step: Option<u32>) -> Result<(), Fault> {
+/// Tries each line over files with nothing in them.
+pub(crate) fn over_nothing(alloc: Global, lines: &str, step: Option<u32>) -> Result<(), Fault> {
     let before = prepare_nothing(alloc)?;
-    each_line(alloc, &before, "create -> done", step)
+    each_line(alloc, &before, lines, step)
 }
 
 /// Tries opening a store of schema 1, which brings it to schema 2.
 pub(crate) fn over_old_files(alloc: Global, step: Option<u32>) -> Result<(), Fault> {
-    let before = prepare_old(alloc)?;
+    let before = prepare_altered(alloc, None, "")?;
     each_line(alloc, &before, "open -> done", step)
+}
+
+/// The lines that make the registry of *two accounts and a*, and these others.
+fn lines_with(alloc: Global, others: &str) -> Result<String, AllocError> {
+    format!(in alloc; "create -> done\n{TWO_ACCOUNTS_AND_A}{others}")
 }
 
 /// The files of *two accounts and a* once these other lines were played.
 pub(crate) fn files_with(alloc: Global, others: &str) -> Result<Prepared, Fault> {
-    let given = format!(in alloc; "create -> done\n{TWO_ACCOUNTS_AND_A}{others}")?;
-    prepare(alloc, &given)
+    prepare(alloc, &lines_with(alloc, others)?)
 }
 
 /// Tries each line over the registry of *two accounts and a* once these others were played.
@@ -227,4 +243,37 @@ pub(crate) fn over_files(
 ) -> Result<(), Fault> {
     let before = files_with(alloc, others)?;
     each_line(alloc, &before, lines, step)
+}
+
+/// Tries the opening of each line over files that its statement altered.
+fn each_altered(
+    alloc: Global,
+    filled: Option<&str>,
+    lines: &str,
+    step: Option<u32>,
+) -> Result<(), Fault> {
+    for line in lines.lines() {
+        let (statement, task) = line.split_once("; ").unwrap_or(("", line));
+        let before = prepare_altered(alloc, filled, statement)?;
+        each_line(alloc, &before, task, step)?;
+    }
+    Ok(())
+}
+
+/// Tries openings of altered files of *two accounts and a*.
+pub(crate) fn over_altered_files(
+    alloc: Global,
+    lines: &str,
+    step: Option<u32>,
+) -> Result<(), Fault> {
+    each_altered(alloc, Some(&lines_with(alloc, "")?), lines, step)
+}
+
+/// Tries openings of an altered store of schema 1.
+pub(crate) fn over_altered_old_files(
+    alloc: Global,
+    lines: &str,
+    step: Option<u32>,
+) -> Result<(), Fault> {
+    each_altered(alloc, None, lines, step)
 }

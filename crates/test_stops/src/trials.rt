@@ -34,8 +34,7 @@ const S1_SENT: &str = "HTTP/1.1 503 Service Unavailable|content-type: applicatio
     content-length: 46||{\"errors\":[{\"detail\":\"S1 storage or memory\"}]}";
 
 /// The answers to the reports and to export after a commit that was refused.
-const SHUT: &str = "open -> done
-users -> G10
+const SHUT: &str = "users -> G10
 tokens -> G10
 crates -> G10
 export -> refused
@@ -59,9 +58,12 @@ pub(crate) fn is_no_room(answer: &str, whole: &str) -> bool {
 
 /// Whether nothing was answered after a task that was refused.
 fn is_stopped(later: &str, refusal: &str) -> bool {
-    match later.strip_prefix(SHUT) {
+    let Some((_opening, behind)) = later.split_once('\n') else {
+        return later.is_empty();
+    };
+    match behind.strip_prefix(SHUT) {
         Some(task) => task.trim_end().ends_with(refusal),
-        None => later.is_empty(),
+        None => false,
     }
 }
 
@@ -124,6 +126,45 @@ fn run(alloc: Global, trial: &Trial<'_>, limits: &Limits) -> Result<Came, Fault>
     let known = [trial.before, trial.after];
     let found = outcome_of(alloc, &known, trial.before, trial.lines, limits)?;
     Ok(came_of(trial, &found))
+}
+
+/// How often the way to the least amount of memory that is enough is halved.
+const HALVES: u32 = 6;
+
+/// How many amounts below that are tried, and by how many bytes they differ.
+const BELOW: (u32, u32) = (4, 64);
+
+/// Does the task with amounts of memory that are nearer and nearer to the least that is enough, and
+/// with those just below, in which one of the last requests is refused. What came with amounts by a
+/// step was seen before.
+pub(crate) fn near_enough(
+    alloc: Global,
+    trial: &Trial<'_>,
+    step: u32,
+    by_steps: Seen,
+) -> Result<Seen, Fault> {
+    let mut seen = Seen::NOTHING;
+    let runs = by_steps.before.saturating_add(by_steps.after);
+    let mut enough = runs.saturating_mul(step);
+    let mut gap = step;
+    for _ in 0..HALVES {
+        gap /= 2;
+        let amount = enough.saturating_sub(gap);
+        let came = run(alloc, trial, &Scarce::Call.with(amount))?;
+        if let Came::Done = came {
+            enough = amount;
+        } else if !seen.counts(came) {
+            return Ok(seen);
+        }
+    }
+    for place in 1..=BELOW.0 {
+        let amount = enough.saturating_sub(place.saturating_mul(BELOW.1));
+        let came = run(alloc, trial, &Scarce::Call.with(amount))?;
+        if !seen.counts(came) && seen.broken.is_some() {
+            return Ok(seen);
+        }
+    }
+    Ok(seen)
 }
 
 /// What is scarce, how much of it there is first, and by what step more.
