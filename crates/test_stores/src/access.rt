@@ -17,3 +17,5 @@ mod opinion;
 mod pairs;
 mod playing;
 mod reports;
+
+pub(crate) use playing::answered;

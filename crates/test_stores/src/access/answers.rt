@@ -28,18 +28,22 @@ fn decision_text(
     }
 }
 
-/// What an action is answered, by joins and by the policy itself.
+/// What an action is answered by joins, and by the policy itself if that is asked too.
 pub(crate) fn decided<S: Alter>(
     alloc: Global,
     work: &mut Work<'_, S>,
     digest: &Digest,
     action: &Action,
+    doubly: bool,
 ) -> Result<String, Fault>
     requires { IsActive S.Store work.old }
     ensures at_work { IsActive S.Store work.new }
     ensures same_reference { work.new.tables.ghost_name ≡ work.old.tables.ghost_name }
 {
     let decision = authorize(work, digest, action)?;
+    if !doubly {
+        return Ok(decision_text(alloc, decision, decision)?);
+    }
     let opinion = second_opinion(alloc, work, digest, action)?;
     Ok(decision_text(alloc, decision, opinion)?)
 }
@@ -50,6 +54,7 @@ pub(crate) fn asked<S: Alter>(
     work: &mut Work<'_, S>,
     token: &str,
     words: &[&str],
+    doubly: bool,
 ) -> Result<String, Fault>
     requires { IsActive S.Store work.old }
     ensures at_work { IsActive S.Store work.new }
@@ -58,12 +63,12 @@ pub(crate) fn asked<S: Alter>(
     let digest = digest_of(token.as_bytes());
     if let ["publish", name, version] = words {
         return match parse_name(name) {
-            Some(name) => decided(alloc, work, &digest, &publication(&name, version)),
+            Some(name) => decided(alloc, work, &digest, &publication(&name, version), doubly),
             None => Ok(String::from_str(alloc, "no name")?),
         };
     }
     match action_of(words) {
-        Some(action) => decided(alloc, work, &digest, &action),
+        Some(action) => decided(alloc, work, &digest, &action, doubly),
         None => Ok(String::from_str(alloc, "no action")?),
     }
 }
@@ -92,6 +97,34 @@ fn readers_text(alloc: Global, readers: &[(u32, Login)]) -> Result<String, Alloc
     Ok(text)
 }
 
+/// Who may act on a crate.
+pub(crate) fn granted<S: Alter>(
+    alloc: Global,
+    work: &mut Work<'_, S>,
+    name: &CrateName,
+) -> Result<String, Fault>
+    requires { IsActive S.Store work.old }
+    ensures at_work { IsActive S.Store work.new }
+    ensures same_reference { work.new.tables.ghost_name ≡ work.old.tables.ghost_name }
+{
+    let grants = who_may(alloc, work, name)?;
+    Ok(grants_text(alloc, &grants)?)
+}
+
+/// Who reads a restricted crate.
+pub(crate) fn read<S: Alter>(
+    alloc: Global,
+    work: &mut Work<'_, S>,
+    name: &CrateName,
+) -> Result<String, Fault>
+    requires { IsActive S.Store work.old }
+    ensures at_work { IsActive S.Store work.new }
+    ensures same_reference { work.new.tables.ghost_name ≡ work.old.tables.ghost_name }
+{
+    let readers = who_reads(alloc, work, name)?;
+    Ok(readers_text(alloc, &readers)?)
+}
+
 /// Who may act on a crate, and who reads it.
 pub(crate) fn reported<S: Alter>(
     alloc: Global,
@@ -102,9 +135,7 @@ pub(crate) fn reported<S: Alter>(
     ensures at_work { IsActive S.Store work.new }
     ensures same_reference { work.new.tables.ghost_name ≡ work.old.tables.ghost_name }
 {
-    let grants = who_may(alloc, work, name)?;
-    let readers = who_reads(alloc, work, name)?;
-    let granted = grants_text(alloc, &grants)?;
-    let read = readers_text(alloc, &readers)?;
-    Ok(format!(in alloc; "{granted} read {read}")?)
+    let grants = granted(alloc, work, name)?;
+    let readers = read(alloc, work, name)?;
+    Ok(format!(in alloc; "{grants} read {readers}")?)
 }

@@ -120,7 +120,7 @@ fn answer_to<S: Alter>(
     ensures same_reference { work.new.tables.ghost_name ≡ work.old.tables.ghost_name }
 {
     let words: Vec<&str> = line.split(' ').collect(alloc)?;
-    asked(alloc, work, token, &words)
+    asked(alloc, work, token, &words, true)
 }
 
 /// Adds what a token is answered to each action, and a space after each.

@@ -3,7 +3,7 @@
 ghost use Rattle.std.specs.Prelude.{◌≡◌};
 ghost use Rattle.reg_tables.specs.Works.{AreOurs, IsActive};
 
-use crate::access::answers::{asked, reported};
+use crate::access::answers::{asked, granted, read, reported};
 use crate::access::fault::Fault;
 use reg_names::parse_name;
 use reg_tables::{Tables, Work};
@@ -13,36 +13,76 @@ use std::process::Abort;
 use std::test::Fail;
 use test_tables::{BASE, answer_of, play_over};
 
-/// A report, a call on the tables, or an action that a token asks for.
+/// A report on a crate.
+fn report_text<S: Alter>(
+    alloc: Global,
+    work: &mut Work<'_, S>,
+    report: &str,
+    name: &str,
+) -> Result<String, Fault>
+    requires { IsActive S.Store work.old }
+    ensures at_work { IsActive S.Store work.new }
+    ensures same_reference { work.new.tables.ghost_name ≡ work.old.tables.ghost_name }
+{
+    let Some(name) = parse_name(name) else {
+        return Ok(String::from_str(alloc, "no name")?);
+    };
+    match report {
+        "who-may" => granted(alloc, work, &name),
+        "who-reads" => read(alloc, work, &name),
+        _ => reported(alloc, work, &name),
+    }
+}
+
+/// A report, or an action that a token asks for.
 fn line_text<S: Alter>(
     alloc: Global,
     work: &mut Work<'_, S>,
     words: &[&str],
+    doubly: bool,
 ) -> Result<String, Fault>
     requires { IsActive S.Store work.old }
     ensures at_work { IsActive S.Store work.new }
     ensures same_reference { work.new.tables.ghost_name ≡ work.old.tables.ghost_name }
 {
     match words {
-        ["access", name] => match parse_name(name) {
-            Some(name) => reported(alloc, work, &name),
-            None => Ok(String::from_str(alloc, "no name")?),
-        },
-        [token, rest @ ..] => asked(alloc, work, token, rest),
+        ["access", name] => report_text(alloc, work, "access", name),
+        ["who-may", name] => report_text(alloc, work, "who-may", name),
+        ["who-reads", name] => report_text(alloc, work, "who-reads", name),
+        [token, rest @ ..] => asked(alloc, work, token, rest, doubly),
         [] => Ok(String::from_str(alloc, "no words")?),
     }
 }
 
-fn answered<S: Alter>(alloc: Global, work: &mut Work<'_, S>, line: &str) -> Result<String, Fault>
+/// What a report is, or an action is answered: by the policy too if that is asked.
+pub(crate) fn answered<S: Alter>(
+    alloc: Global,
+    work: &mut Work<'_, S>,
+    line: &str,
+    doubly: bool,
+) -> Result<String, Fault>
     requires { IsActive S.Store work.old }
     ensures at_work { IsActive S.Store work.new }
     ensures same_reference { work.new.tables.ghost_name ≡ work.old.tables.ghost_name }
 {
-    if let Some(call) = line.strip_prefix("call ") {
-        return Ok(answer_of(alloc, work, call)?);
-    }
     let words: Vec<&str> = line.split(' ').collect(alloc)?;
-    line_text(alloc, work, &words)
+    line_text(alloc, work, &words, doubly)
+}
+
+/// What a line is answered: a call on the tables, or a report or an action.
+fn called_or_answered<S: Alter>(
+    alloc: Global,
+    work: &mut Work<'_, S>,
+    line: &str,
+) -> Result<String, Fault>
+    requires { IsActive S.Store work.old }
+    ensures at_work { IsActive S.Store work.new }
+    ensures same_reference { work.new.tables.ghost_name ≡ work.old.tables.ghost_name }
+{
+    match line.strip_prefix("call ") {
+        Some(call) => Ok(answer_of(alloc, work, call)?),
+        None => answered(alloc, work, line, true),
+    }
 }
 
 /// The first line that is answered otherwise than it says.
@@ -57,7 +97,7 @@ pub(crate) fn first_wrong<S: Alter>(
 {
     for line in lines.split('\n') {
         let (asked, want) = line.split_once(" -> ").unwrap_or((line, "no arrow"));
-        let found = answered(alloc, work, asked)?;
+        let found = called_or_answered(alloc, work, asked)?;
         if found.as_str() != want {
             return Ok(Some(format!(in alloc; "{asked}: {found}")?));
         }

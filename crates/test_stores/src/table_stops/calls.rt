@@ -65,6 +65,8 @@ archive-id 2 -> 2:abc;
 owners 1 -> 1:ada:Ada:on;2:bob:-:on;
 readers 1 -> 2:bob:-:on;
 restricted 1 -> no
+search 1 10 [IR] -> 1 first:0.1.0:it-nets;
+search 1 10 [] -> 1 first:0.1.0:it-nets;
 summary 1 -> 1:1:357;
 reaches-crates 1 -> yes
 reaches-crates 3 -> no
@@ -99,3 +101,31 @@ pub(crate) const VERSIONS: &str = "versions 1 -> 1:1:0.1.0:0.1.0:#abc:it-nets:ke
 \"ba7816bf8f01cfea414140de5dae2223b00361a396177a9cb410ff61f20015ad\",\"deps\":[],\
 \"features\":{},\"links\":null,\"name\":\"first\",\"rust_version\":null,\"vers\":\"0.2.0\",\
 \"yanked\":;";
+
+/// A restricted crate, and tokens: one with another pattern, one of a stranger, a revoked one, and
+/// one of a disabled account.
+pub(crate) const TOKENS: &str = "restrict 1 -> done
+add-account dan -> 4
+add-token narrow 1 nuyo b* -> 2
+add-token second 4 -uy- * -> 3
+add-token revoked 1 nuyo * -> 4
+revoke 4 -> done
+add-token off 3 nuyo * -> 5
+commit -> done";
+
+/// Each access rule, and some of the rules on versions and names, is broken first by an action;
+/// then two that break none, who may act on a crate, and who reads it.
+pub(crate) const ASKED: &str = "ask abd config -> A2
+ask revoked config -> A3
+ask off config -> A4
+ask abcdbcdecdefdefgefghfghighijhijkijkljklmklmnlmnomnopnopq publish new 0.1.0 -> A6
+ask narrow yank first 0.1.0 -> A7
+ask abcdbcdecdefdefgefghfghighijhijkijkljklmklmnlmnomnopnopq index fi/rs/first -> A8
+ask abcdbcdecdefdefgefghfghighijhijkijkljklmklmnlmnomnopnopq publish first 0.3.0 -> A9
+ask abc download first 0.3.0 -> A10
+ask abc publish First 0.3.0 -> N3
+ask abc publish first 0.2.0 -> V2
+ask abc index fi/rs/first -> allowed
+ask abc publish new 0.1.0 -> allowed
+ask who-may first -> 1:PublishUpdate:ada;1:Yank:ada;1:ChangeOwners:ada;
+ask who-reads first -> 2:bob;";

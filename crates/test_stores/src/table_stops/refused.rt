@@ -1,7 +1,9 @@
 //! A call with each amount of memory: it is answered as with ample memory, or it is refused and the
 //! rows are those before.
 
-use crate::table_stops::calls::{A_CRATE, AN_OPENING, CHANGES, RESTRICTED, SELECTIONS, VERSIONS};
+use crate::table_stops::calls::{
+    A_CRATE, AN_OPENING, ASKED, CHANGES, RESTRICTED, SELECTIONS, TOKENS, VERSIONS,
+};
 use crate::table_stops::fault::Fault;
 use crate::table_stops::lines::{How, over_files, over_nothing};
 use test_files::Scarce;
@@ -52,6 +54,12 @@ fn anything_changed(rt: HostRuntime) -> Result<(), Fault> {
 fn anything_found(rt: HostRuntime) -> Result<(), Fault> {
     let how = How::ScarceSelection(EACH_SELECTION_STEP, 1);
     over_files(rt.alloc(), "", SELECTIONS, how)
+}
+
+#[test]
+fn anything_asked(rt: HostRuntime) -> Result<(), Fault> {
+    let how = How::ScarceSelection(EACH_SELECTION_STEP, 1);
+    over_files(rt.alloc(), TOKENS, ASKED, how)
 }
 
 const LINE_OF_ANOTHER_CRATE: &str = "add-version 1 other 0.3.0 abc -> done

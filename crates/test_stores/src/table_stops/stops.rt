@@ -1,7 +1,9 @@
 //! Each file stops at each of its calls: after each stop the rows are those before or those after,
 //! and those after if the commit was acknowledged.
 
-use crate::table_stops::calls::{A_CRATE, AN_OPENING, CHANGES, RESTRICTED, SELECTIONS};
+use crate::table_stops::calls::{
+    A_CRATE, AN_OPENING, ASKED, CHANGES, RESTRICTED, SELECTIONS, TOKENS,
+};
 use crate::table_stops::fault::Fault;
 use crate::table_stops::lines::{How, over_files, over_nothing};
 
@@ -43,4 +45,9 @@ fn a_stop_while_anything_is_changed(rt: HostRuntime) -> Result<(), Fault> {
 #[test]
 fn a_stop_while_anything_is_selected(rt: HostRuntime) -> Result<(), Fault> {
     over_files(rt.alloc(), "", SELECTIONS, How::StoppedSelection)
+}
+
+#[test]
+fn a_stop_while_anything_is_asked(rt: HostRuntime) -> Result<(), Fault> {
+    over_files(rt.alloc(), TOKENS, ASKED, How::StoppedSelection)
 }

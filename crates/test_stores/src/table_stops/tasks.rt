@@ -3,6 +3,7 @@
 ghost use Rattle.std.specs.Prelude.{◌≡◌, IfOk};
 ghost use Rattle.reg_tables.specs.Works.{AreOurs, IsActive};
 
+use crate::access::answered;
 use crate::table_stops::fault::Fault;
 use crate::table_stops::files::rows_after;
 use reg_audit::audit;
@@ -12,7 +13,7 @@ use std::alloc::{AllocError, Global};
 use test_files::{Image, Job, Limits, MANY_PAGES, files_of, have_stopped, leave_only, work_in};
 use test_support::scarce_memory::Amounts;
 use test_tables::{
-    BASE, Call, check_text, entries_text, perform, read_call, read_logins, reply_text,
+    BASE, Call, check_text, entries_text, perform, read_call, read_logins, reply_text, search_text,
 };
 
 /// What is done.
@@ -28,6 +29,10 @@ pub(crate) enum Task<'a> {
     Logins,
     /// The entries of a crate's index file are read, one row at a time.
     Entries(u32),
+    /// Crates are searched for.
+    Search(&'a str),
+    /// An action is decided, or who may act and read is told.
+    Access(&'a str),
     /// They are brought to schema 2.
     Migrate,
     /// A call is made in a transaction of its own.
@@ -49,6 +54,12 @@ pub(crate) fn read_task<'a>(alloc: Global, text: &'a str) -> Result<Task<'a>, Fa
 fn read_other<'a>(alloc: Global, text: &'a str) -> Result<Task<'a>, Fault> {
     if let Some(id) = text.strip_prefix("entries ") {
         return Ok(Task::Entries(id.parse().unwrap_or(0)));
+    }
+    if let Some(words) = text.strip_prefix("search ") {
+        return Ok(Task::Search(words));
+    }
+    if let Some(line) = text.strip_prefix("ask ") {
+        return Ok(Task::Access(line));
     }
     match read_call(alloc, text)? {
         Some(call) => Ok(Task::Call(call)),
@@ -177,6 +188,44 @@ fn entries<S: Alter>(
     read(alloc, found)
 }
 
+fn searched<S: Alter>(
+    alloc: Global,
+    tables: &mut Tables<S>,
+    words: &str,
+    amount: Option<u32>,
+) -> Result<Reply, AllocError>
+    requires { AreOurs S.Store tables.old }
+{
+    let memory = leave_only(alloc, amount)?;
+    let found = search_text(alloc, tables, words);
+    drop(memory);
+    read(alloc, found)
+}
+
+/// What is asked in a transaction, which is dropped.
+fn asked<S: Alter>(
+    alloc: Global,
+    tables: &mut Tables<S>,
+    line: &str,
+    amount: Option<u32>,
+) -> Result<Reply, AllocError>
+    requires { AreOurs S.Store tables.old }
+{
+    let Ok(mut work) = tables.upgrade() else {
+        return fault(alloc);
+    };
+    let memory = leave_only(alloc, amount)?;
+    let found = answered(alloc, &mut work, line, false);
+    drop(memory);
+    match found {
+        Ok(text) => Ok(Reply {
+            text,
+            acknowledged: true,
+        }),
+        Err(_fault) => fault(alloc),
+    }
+}
+
 /// Whether the tables were of schema 1, once they are of schema 2.
 fn migrated<S: Alter>(
     alloc: Global,
@@ -207,6 +256,8 @@ fn over_tables<S: Alter>(
         Task::Audit => checked(alloc, tables, limits.call),
         Task::Logins => logins(alloc, tables, limits.call),
         Task::Entries(id) => entries(alloc, tables, *id, limits.call),
+        Task::Search(words) => searched(alloc, tables, words, limits.call),
+        Task::Access(line) => asked(alloc, tables, line, limits.call),
         Task::Migrate => migrated(alloc, tables, limits.call),
         Task::Make | Task::Adopt => reply_with(alloc, "done", true),
     }
